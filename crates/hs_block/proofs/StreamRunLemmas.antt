@@ -23,7 +23,7 @@ use Rattle.hs_engine.specs.Between.{between}
 use Rattle.hs_block.specs.StreamSets.{takes_byte}
 use Rattle.hs_block.specs.StreamTables.{comes_before, stream_rules}
 use Rattle.hs_bits.specs.WordBits.{count_below, one_later, word_bit}
-use Rattle.hs_block.proofs.AnyLemmas.{any-none, any-same, any-some, none-any, same-truth, some-any, true-false, true-or-false}
+use Rattle.hs_block.proofs.AnyLemmas.{any-none, any-same, any-some, none-any, same-truth, true-false, true-or-false}
 use Rattle.hs_bits.proofs.BlockLemmas.{count-same}
 use Rattle.hs_bits.proofs.PackedLemmas.{bit-packed, length-packed, packed-same, packed-zero}
 use Rattle.hs_bits.proofs.PlaceLemmas.{bit-both, bit-none, less-is, not-less}
@@ -135,30 +135,10 @@ module _ (s : Streams) (prev : Prev) (old : List ℕ) (enters : ℕ) (whole word
         ∙ busy-is i (omega arith) len blank_is));
   }
 
-pub turned-off : (b : Bool) → not b ≡ true → b ≡ false
-turned-off true off = sym off
-turned-off false off = refl
-
--- a region without a bit, where no position is live behind the byte of that place
-pub idle-kept : (s : Streams) (old words : List ℕ) (alive last : ℕ) → is_blank old ≡ true → ((i : ℕ) → word_bit alive i ≡ any_below s.size (λ x. word_bit (get_or words x 0) i)) → word_bit alive last ≡ false →
-    old ≡ packed (length old) (λ x. nat_lt x s.size && word_bit (get_or words x 0) last)
-idle-kept s old words alive last blank alive_is unset =
-    let f : ℕ → Bool = λ x. nat_lt x s.size && word_bit (get_or words x 0) last in
-    same-zero old (packed (length old) f) (sym (length-packed (length old) f)) (blank-zero old blank)
-    (packed-zero (length old) f (λ x below. under x s.size (word_bit (get_or words x 0) last) false (none x) ∙ and-none (nat_lt x s.size)))
-  where
-    none : (x : ℕ) → x < s.size → word_bit (get_or words x 0) last ≡ false
-    none x inside =
-        elim (true-or-false (word_bit (get_or words x 0) last)) [
-          | inr off ↦ off
-          | inl on ↦
-              true-false (word_bit alive last) (alive_is last ∙ some-any s.size (λ y. word_bit (get_or words y 0) last) x inside on) unset
-        ]
-
 -- a block in which nothing is live
 module _ (s : Streams) (prev : Prev) (old : List ℕ) (enters : ℕ) (whole : List ℕ) (count first low : ℕ) (rested : Bool) (few : count ≤ 64) (len : length old ≡ (s.size + 7) / 8)
     (blank : rested ≡ is_blank old) (small : (i : ℕ) → get_or whole i 0 < 256) (low_is : (i : ℕ) → word_bit low i ≡ nat_lt i count)
-    (first_is : (i : ℕ) → i < 64 → word_bit first i ≡ (in_set (slice_get s.sets.items 0) (get_or whole i 0) && word_bit enters i))
+    (first_is : (i : ℕ) → i < 64 → word_bit first i ≡ in_set (slice_get s.sets.items 0) (get_or whole i 0))
     (rests : (rested && eqb (bit_and first (bit_and enters low)) 0) ≡ true) where
   no-first : bit_and first (bit_and enters low) ≡ 0
   no-first = eqb-true (bit_and first (bit_and enters low)) 0 (second_of_both (rested) (eqb (bit_and first (bit_and enters low)) 0) rests)
@@ -179,8 +159,7 @@ module _ (s : Streams) (prev : Prev) (old : List ℕ) (enters : ℕ) (whole : Li
             let entered : word_bit enters i ≡ true = first_of_both (word_bit enters i) m both in
             let member : word_bit first i ≡ true =
             first_is i (omega arith)
-            ∙ of_both (in_set (slice_get s.sets.items 0) (get_or whole i 0)) (word_bit enters i)
-            (s.firsts x (get_or whole i 0) (context_before prev whole i) inside (small i) (second_of_both (word_bit enters i) m both) (first_of_both t (word_bit enters i && m) on)) entered in
+            ∙ s.firsts x (get_or whole i 0) (context_before prev whole i) inside (small i) (second_of_both (word_bit enters i) m both) (first_of_both t (word_bit enters i && m) on) in
             true-false (word_bit (bit_and first (bit_and enters low)) i)
             (bit-both first (bit_and enters low) i ∙ of_both (word_bit first i) (word_bit (bit_and enters low) i) member
             (bit-both enters low i ∙ of_both (word_bit enters i) (word_bit low i) entered (low_is i ∙ less-is i count below)))

@@ -375,8 +375,8 @@ module _ (s : Streams) (prev : Prev) (state : List ℕ) (enters : ℕ) (whole wo
 
 -- at first all words are 0
 pub settle-first : (s : Streams) (prev : Prev) (state : List ℕ) (enters first : ℕ) (whole words todo live : List ℕ) → s.size ≤ length words → ((x : ℕ) → get_or words x 0 ≡ 0) →
-    ((i : ℕ) → get_or whole i 0 < 256) → ((i : ℕ) → i < 64 → word_bit first i ≡ (in_set (slice_get s.sets.items 0) (get_or whole i 0) && word_bit enters i)) → ((k : ℕ) → has_word_bit live k ≡ false) →
-    ((x : ℕ) → x < s.size → has_word_bit todo x ≡ false → has_word_bit s.entered x ≡ true → (i : ℕ) → word_bit first i ≡ false) →
+    ((i : ℕ) → get_or whole i 0 < 256) → ((i : ℕ) → i < 64 → word_bit first i ≡ in_set (slice_get s.sets.items 0) (get_or whole i 0)) → ((k : ℕ) → has_word_bit live k ≡ false) →
+    ((x : ℕ) → x < s.size → has_word_bit todo x ≡ false → has_word_bit s.entered x ≡ true → (i : ℕ) → (word_bit first i && word_bit enters i) ≡ false) →
     ((x y : ℕ) (c : Context) → x < s.size → y < s.size → has_word_bit todo x ≡ false → has_word_bit state y ≡ true → comes_before s x y c ≡ false) →
     IsSettled (stream_rules s prev enters whole) (has_word_bit state) words todo live
 settle-first s prev state enters first whole words todo live room dark bytes first_is unlive entered led = record {
@@ -403,10 +403,9 @@ settle-first s prev state enters first whole words todo live room dark bytes fir
               let both : (word_bit enters i && m) ≡ true = second_of_both t (word_bit enters i && m) on in
               let may : m ≡ true = second_of_both (word_bit enters i) m both in
               let member : word_bit first i ≡ true =
-              first_is i small
-              ∙ of_both (in_set (slice_get s.sets.items 0) (get_or whole i 0)) (word_bit enters i)
-              (s.firsts x (get_or whole i 0) (context_before prev whole i) low (bytes i) may (first_of_both t (word_bit enters i && m) on)) (first_of_both (word_bit enters i) m both) in
-              true-false (word_bit first i) member (entered x low unset (s.entered_some x (context_before prev whole i) may) i)
+              first_is i small ∙ s.firsts x (get_or whole i 0) (context_before prev whole i) low (bytes i) may (first_of_both t (word_bit enters i && m) on) in
+              true-false (word_bit first i && word_bit enters i) (of_both (word_bit first i) (word_bit enters i) member (first_of_both (word_bit enters i) m both))
+              (entered x low unset (s.entered_some x (context_before prev whole i) may) i)
         ]
 
     unled : (x : ℕ) → x < s.size → has_word_bit todo x ≡ false → (i : ℕ) → any_below s.size (λ y. live_at (has_word_bit state) words i y && comes_before s x y (context_before prev whole i)) ≡ false
@@ -481,17 +480,8 @@ row-unset todo row new y new_is unset = elim (true-or-false (has_word_bit row y)
   | inr off ↦ off
 ]
 
--- the word of a position that never follows itself
-pub alone : (word reached again i : ℕ) (takes : Bool) → again ≡ 0 → word_bit word i ≡ (takes && word_bit reached i) →
-    word_bit word i ≡ (takes && (word_bit reached i || (nat_le 1 i && (word_bit word (i - 1) && word_bit again i))))
-alone word reached again i takes never is =
-    let r : Bool = word_bit reached i in
-    let before : Bool = word_bit word (i - 1) in
-    is
-    ∙ ap (λ b. takes && b)
-    (sym (ap (λ w. r || (nat_le 1 i && (before && word_bit w i))) never
-    ∙ (ap (λ b. r || (nat_le 1 i && (before && b))) (bit-none i)
-    ∙ (ap (λ b. r || (nat_le 1 i && b)) (and-none before) ∙ (ap (λ b. r || b) (and-none (nat_le 1 i)) ∙ or-none r)))))
+pub none-entered : (first enters i : ℕ) → bit_and first enters ≡ 0 → (word_bit first i && word_bit enters i) ≡ false
+none-entered first enters i none_ = sym (bit-both first enters i) ∙ (ap (λ w. word_bit w i) none_ ∙ bit-none i)
 
 -- what is read from the words
 

@@ -1,14 +1,12 @@
-//! Words of 64 places, one for each position: united, read at one place, and what follows of them; rows of positions.
+//! Words of 64 places, one for each position: united, read at one place, and whether rows of positions meet.
 
-ghost use Rattle.std.specs.Prelude.{◌≡◌, ℕ, ◌*◌, ◌<◌, ◌≤◌, ◌&&◌, ◌||◌, false, length, nat_lt, not, slice_index};
-ghost use Rattle.hs_base.specs.Bits.{has_bit, has_word_bit};
+ghost use Rattle.std.specs.Prelude.{◌≡◌, ℕ, ◌-◌, ◌*◌, ◌<◌, ◌≤◌, ◌&&◌, ◌||◌, IfSome, false, length, nat_le, slice_index};
+ghost use Rattle.hs_base.specs.Bits.{has_word_bit};
 ghost use Rattle.hs_engine.specs.AnyBelow.{any_below};
-ghost use Rattle.hs_bits.specs.WordBits.{one_later, word_bit};
-ghost use Rattle.hs_block.specs.Blocks.{is_blank};
+ghost use Rattle.hs_bits.specs.WordBits.{word_bit};
 
 use hs_bits::{
-    WORD_BITS, are_apart, contains_place, load, low_places, lowest_bit, one_later, with_place,
-    without_lowest_bit,
+    WORD_BITS, are_apart, contains_place, lowest_bit, row_word, with_place, without_lowest_bit,
 };
 
 /// Whether the two rows have a bit in common.
@@ -20,6 +18,18 @@ pub(crate) fn meet(one: &[u64], other: &[u64]) -> bool
         result ≡ any_below size (λ y. has_word_bit one.now y && has_word_bit other.now y) }
 {
     !are_apart(one, other)
+}
+
+/// As `row_word`, which has no more to look at where the row may go on nowhere.
+#[inline(always)]
+pub(crate) fn word_behind(class: u64, reached: u64, again: u64) -> Option<u64>
+    ensures { IfSome result (λ word. (i : ℕ) → i < 64 → word_bit word i ≡ (word_bit class i
+        && (word_bit reached i || (nat_le 1 i && (word_bit word (i - 1) && word_bit again i))))) }
+{
+    if again == 0 {
+        return Some(class & reached);
+    }
+    row_word(class, reached, again)
 }
 
 /// The words of those numbers, united.
@@ -87,29 +97,4 @@ fn column_word(words: &[u64], numbers: u64, place: usize) -> u64
         left = without_lowest_bit(left);
     }
     row
-}
-
-/// The positions that are live before a block by its region, which isn't read if it is known to be blank.
-#[inline(always)]
-pub(crate) fn state_of<const W: usize>(region: &[u8], blank: bool) -> [u64; W]
-    requires len { length region.now ≤ 8 * W }
-    requires blank { blank ≡ is_blank region.now }
-    ensures len { length result ≡ W }
-    ensures bits { (k : ℕ) → has_word_bit result k ≡ has_bit region.now k }
-{
-    if blank {
-        return [0u64; W];
-    }
-    load::<W>(region)
-}
-
-/// The places before whose bytes something is live or the expression is entered, by those behind whose bytes something
-/// is live.
-#[inline(always)]
-pub(crate) fn busy_places(enters: u64, alive: u64, count: usize, blank: bool) -> u64
-    requires few { count ≤ 64 }
-    ensures { (i : ℕ) → word_bit result i
-        ≡ (nat_lt i count && (word_bit enters i || one_later (not blank) (word_bit alive) i)) }
-{
-    low_places(count) & (enters | one_later(alive, !blank))
 }

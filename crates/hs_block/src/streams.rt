@@ -26,16 +26,16 @@ ghost use Rattle.hs_bits.specs.WordBits.{one_later, word_bit};
 use crate::before_tables::{
     EXACT_WIDTH, MAX_WIDTH, OrderTables, SQUARES, places_by_square, row_in,
 };
-use crate::class_words::{ClassWords, MAX_SETS, class_among};
+use crate::class_words::{ClassWords, MAX_SETS, class_word};
 use crate::mask_places::{places_before, places_behind};
 use crate::mask_words::{has_mixed, some_row};
-use crate::position_words::{busy_places, column, meet, state_of, united_rows};
+use crate::position_words::{column, meet, united_rows, word_behind};
 use crate::set_tables::SetTables;
 use hs_base::{ByteSet, Mask, Prev};
 use hs_bits::{
-    Contexts, WORD_BITS, contains_place, contains_word_bit, contexts_of, is_zero, keep_words,
-    low_places, lowest_bit, next_bit_in, one_later, only_if, place_count, place_in, row_word,
-    store, unite_words, without_lowest_bit, write_word_bit,
+    Contexts, WORD_BITS, contains_place, contains_word_bit, contexts_of, is_zero, keep_words, load,
+    low_places, lowest_bit, next_bit_in, one_later, only_if, place_count, place_in, store,
+    unite_words, without_lowest_bit, write_word_bit,
 };
 use hs_engine::{Automaton, BlockEnds, Steps, first_bytes};
 use std::alloc::{AllocError, Global};
@@ -255,7 +255,7 @@ impl Streams {
         requires few { count ≤ 64 }
         ensures { IsTried self.now prev region.old region.new enters whole.now count result steps.old steps.new }
     {
-        let first = class_among(&self.sets[0], whole, enters);
+        let first = class_word(&self.sets[0], whole);
         let entered = enters & low_places(count);
         let blank = is_zero(region);
         if blank & (first & entered == 0) {
@@ -294,8 +294,8 @@ impl Streams {
         requires blank { setting.now.blank ≡ is_blank region.old }
         requires few { count ≤ 64 }
         requires many { self.now.width ≢ 1 }
-        requires first { (i : ℕ) → i < 64 → word_bit first i
-            ≡ (in_set (slice_get self.now.sets.items 0) (slice_index whole.now i) && word_bit setting.now.enters i) }
+        requires first { (i : ℕ) → i < 64 →
+            word_bit first i ≡ in_set (slice_get self.now.sets.items 0) (slice_index whole.now i) }
         ensures { IsTried self.now setting.now.prev region.old region.new setting.now.enters whole.now count result
             steps.old steps.new }
     {
@@ -308,8 +308,7 @@ impl Streams {
         self.take::<L, MAX_WIDTH, MAX_STREAMS>(region, setting, whole, count, first, steps)
     }
 
-    /// Takes them by rows of just so many words, or of as many as there may be. The places are told at which the
-    /// expression is entered and whose bytes may be the first ones of a match.
+    /// Takes them by rows of just so many words, or of as many as there may be. The places of the first bytes are told.
     fn take<L: Ledger, const W: usize, const N: usize>(
         &self,
         region: &mut [u8],
@@ -325,8 +324,8 @@ impl Streams {
         requires whole { length whole.now ≡ 64 }
         requires blank { setting.now.blank ≡ is_blank region.old }
         requires few { count ≤ 64 }
-        requires first { (i : ℕ) → i < 64 → word_bit first i
-            ≡ (in_set (slice_get self.now.sets.items 0) (slice_index whole.now i) && word_bit setting.now.enters i) }
+        requires first { (i : ℕ) → i < 64 →
+            word_bit first i ≡ in_set (slice_get self.now.sets.items 0) (slice_index whole.now i) }
         requires room { N ≡ 64 * W }
         ensures { IsTried self.now setting.now.prev region.old region.new setting.now.enters whole.now count result
             steps.old steps.new }
@@ -335,15 +334,14 @@ impl Streams {
             prev: setting.prev,
             contexts: self.contexts(setting.prev, whole),
             enters: setting.enters,
-            state: state_of::<W>(region, setting.blank),
+            state: load::<W>(region),
         };
         let mut words = [0u64; N];
         let live = self.solve(&entry, whole, first, &mut words)?;
-        let alive = self.live_places(&words, &live);
-        let busy = busy_places(setting.enters, alive, count, setting.blank);
+        let busy = self.busy_places(&entry, &words, &live, count, setting.blank);
         steps.tick_by(place_count(busy));
         let ends = self.ends(&entry, whole, &words, &live, count);
-        self.keep(region, &words, &live, alive, count, setting.blank);
+        self.keep::<W>(region, &words, &live, count);
         Some(ends)
     }
 
@@ -370,8 +368,8 @@ impl Streams {
         requires fits { RowsFit self.now.width W }
         requires whole { length whole.now ≡ 64 }
         requires made { AreMade entry.now.contexts entry.now.prev whole.now }
-        requires first { (i : ℕ) → i < 64 → word_bit first i
-            ≡ (in_set (slice_get self.now.sets.items 0) (slice_index whole.now i) && word_bit entry.now.enters i) }
+        requires first { (i : ℕ) → i < 64 →
+            word_bit first i ≡ in_set (slice_get self.now.sets.items 0) (slice_index whole.now i) }
         requires state { (y : ℕ) → self.now.size ≤ y → has_word_bit entry.now.state y ≡ false }
         requires room { 64 * self.now.width ≤ length words.old }
         requires zero { (x : ℕ) → slice_index words.old x ≡ 0 }
@@ -381,7 +379,7 @@ impl Streams {
             word_bit (slice_index words.new x) i ≡ is_next (stream_rules self.now entry.now.prev entry.now.enters
             whole.now) i (live_at (has_word_bit entry.now.state) words.new i) x) }
     {
-        let mut classes = ClassWords::none();
+        let mut classes = ClassWords::new(first);
         let todo = self.first_todo(entry, first);
         let live = [0u64; W];
         let mut work = Work { todo, live };
@@ -397,19 +395,20 @@ impl Streams {
         None
     }
 
-    /// The positions that are entered in some context, if there are places at which a match may begin, those that are
-    /// live, and those to which one of these leads.
+    /// The positions that are entered in some context, if a first byte stands where the expression is entered, those
+    /// that are live, and those to which one of these leads.
     fn first_todo<const W: usize>(&self, entry: &Entry<W>, first: u64) -> [u64; W]
         requires fits { RowsFit self.now.width W }
         ensures len { length result ≡ W }
         ensures entered { (x : ℕ) → x < self.now.size → has_word_bit result x ≡ false →
-            has_word_bit self.now.entered x ≡ true → (i : ℕ) → word_bit first i ≡ false }
+            has_word_bit self.now.entered x ≡ true →
+            (i : ℕ) → (word_bit first i && word_bit entry.now.enters i) ≡ false }
         ensures led { (x y : ℕ) (c : Context) → x < self.now.size → y < self.now.size →
             has_word_bit result x ≡ false →
             has_word_bit entry.now.state y ≡ true → comes_before self.now x y c ≡ false }
     {
         let mut todo = self.led_by(&entry.state);
-        if first == 0 {
+        if first & entry.enters == 0 {
             return todo;
         }
         unite_words(&mut todo, &self.entered[..W]);
@@ -513,12 +512,8 @@ impl Streams {
         if reached == 0 {
             return Some(0);
         }
-        let number = self.numbers.as_slice()[position];
-        if arrivals.again == 0 {
-            return Some(classes.among(reached, &self.sets, number, whole));
-        }
-        let class = classes.of(&self.sets, number, whole);
-        row_word(class, reached, arrivals.again)
+        let class = classes.of(&self.sets, self.numbers.as_slice()[position], whole);
+        word_behind(class, reached, arrivals.again)
     }
 
     /// Where positions that are live lead to a position, and where it may follow itself.
@@ -692,48 +687,42 @@ impl Streams {
         }
     }
 
-    /// Keeps the positions that are live behind the last of so many bytes. Where there are none, as before the block,
-    /// the region stays as it is.
-    fn keep<const W: usize>(
-        &self,
-        region: &mut [u8],
-        words: &[u64],
-        live: &[u64; W],
-        alive: u64,
-        count: usize,
-        blank: bool,
-    )
+    /// Keeps the positions that are live behind the last of so many bytes.
+    fn keep<const W: usize>(&self, region: &mut [u8], words: &[u64], live: &[u64], count: usize)
         requires fits { RowsFit self.now.width W }
         requires few { count ≤ 64 }
         requires room { 64 * W ≤ length words.now }
         requires lit { AreLive self.now.size W words.now live.now }
-        requires alive { (i : ℕ) → word_bit alive i
-            ≡ any_below self.now.size (λ x. word_bit (slice_index words.now x) i) }
         requires len { length region.old ≡ (self.now.size + 7) / 8 }
-        requires blank { blank ≡ is_blank region.old }
         ensures none { count ≡ 0 → region.new ≡ region.old }
         ensures some { (last : ℕ) → count ≡ last + 1 → region.new ≡
             packed (length region.old)
             (λ x. nat_lt x self.now.size && word_bit (slice_index words.now x) last) }
     {
-        if count == 0 {
-            return;
-        }
-        let idle = blank & !contains_place(alive, count - 1);
-        if !idle {
+        if count > 0 {
             store(&column::<W>(words, live, count - 1), region);
         }
     }
 
-    /// The places behind whose bytes a position is live.
-    fn live_places<const W: usize>(&self, words: &[u64], live: &[u64; W]) -> u64
+    /// The places before whose bytes a position is live or the expression is entered.
+    fn busy_places<const W: usize>(
+        &self,
+        entry: &Entry<W>,
+        words: &[u64],
+        live: &[u64],
+        count: usize,
+        blank: bool,
+    ) -> u64
         requires fits { RowsFit self.now.width W }
+        requires few { count ≤ 64 }
         requires room { 64 * self.now.width ≤ length words.now }
         requires lit { AreLive self.now.size W words.now live.now }
-        ensures { (i : ℕ) → word_bit result i
-            ≡ any_below self.now.size (λ x. word_bit (slice_index words.now x) i) }
+        ensures { (i : ℕ) → word_bit result i ≡ (nat_lt i count && (word_bit entry.now.enters i
+            || one_later (not blank)
+            (λ j. any_below self.now.size (λ x. word_bit (slice_index words.now x) j)) i)) }
     {
-        united_rows(words, row_in::<W>(live, self.width, 0), live)
+        let word = united_rows(words, row_in::<W>(live, self.width, 0), live);
+        low_places(count) & (entry.enters | one_later(word, !blank))
     }
 }
 

@@ -1,4 +1,4 @@
-use Rattle.std.proofs.Common.{◌≡◌, ℕ, ◌+◌, ◌*◌, ◌<◌, get_or, ap, sym, ◌∙◌, arith}
+use Rattle.std.proofs.Common.{◌≡◌, ◌≢◌, ℕ, ◌+◌, ◌*◌, ◌<◌, get_or, ap, sym, ◌∙◌, arith}
 use Rattle.hs_base.specs.Bits.{has_word_bit}
 use Rattle.hs_bits.specs.BlockContexts.{context_before}
 use Rattle.hs_block.specs.StreamSets.{in_rows}

@@ -1,14 +1,12 @@
-use Rattle.std.proofs.Common.{sym, ap, ◌∙◌, arith}
+use Rattle.std.proofs.Common.{sym, ◌∙◌, arith}
 use Rattle.hs_block.proofs.AnyLemmas.{true-false}
 use Rattle.hs_base.specs.Bits.{has_word_bit}
-use Rattle.hs_bits.specs.WordBits.{word_bit}
-use Rattle.hs_bits.proofs.PlaceLemmas.{bit-none}
-use Rattle.hs_block.proofs.StreamSettleLemmas.{row-unset, still-unset}
+use Rattle.hs_block.proofs.StreamSettleLemmas.{none-entered, row-unset, still-unset}
 use Rattle.hs_block.proofs.TableLemmas.{front-bits}
 use Rattle.hs_block.proofs.streams.Streams.first_todo.Goals as goal
 
-pub returns-then-first-eq0-clause-entered : goal.returns-then-first-eq0-clause-entered
-returns-then-first-eq0-clause-entered g c x low unset on i = ap (λ w. word_bit w i) c.if-first-eq0.true ∙ bit-none i
+pub returns-then-first-entry-eq0-clause-entered : goal.returns-then-first-entry-eq0-clause-entered
+returns-then-first-entry-eq0-clause-entered g c x low unset on i = none-entered c.args.first c.args.entry.now.enters i c.if-first-entry-eq0.true
 
 pub returns-clause-entered : goal.returns-clause-entered
 returns-clause-entered g c x low unset on i =

@@ -1,7 +1,6 @@
-use Rattle.std.proofs.Common.{◌&&◌, get_or, vec_len, arith, ap, sym, ◌∙◌}
+use Rattle.std.proofs.Common.{get_or, vec_len, arith, ap, sym, ◌∙◌}
 use Rattle.std.proofs.lemmas.Option.{slice_get_read}
 use Rattle.hs_engine.specs.Automata.{in_set}
-use Rattle.hs_bits.specs.WordBits.{word_bit}
 use Rattle.hs_block.proofs.StreamRunLemmas.{blank-is, rest-run}
 use Rattle.hs_block.proofs.streams.Streams.run_whole.Goals as goal
 
@@ -12,11 +11,11 @@ returns-then-blank-first g c =
     let count = c.args.count in (
       c.place_count.result,
       c.tick_by.ensures,
-      rest-run s c.args.prev c.args.region.now c.args.enters whole count c.class_among-first.result c.low_places.result c.is_zero-blank.result c.requires.few c.requires.len
+      rest-run s c.args.prev c.args.region.now c.args.enters whole count c.class_word-first.result c.low_places.result c.is_zero-blank.result c.requires.few c.requires.len
           (blank-is c.is_zero-blank.result c.args.region.now c.is_zero-blank.ensures) (λ i. let b = c.type_inv.whole i in omega (arith, b)) c.low_places.ensures
           (λ i below.
-          c.class_among-first.ensures i below
-          ∙ ap (λ set. in_set set (get_or whole i 0) && word_bit c.args.enters i) (sym (slice_get_read s.sets.items (vec_len s.sets) 0 c.index.result.now s.sets.ok.0 s.some_sets c.index.ensures)))
+          c.class_word-first.ensures i below
+          ∙ ap (λ set. in_set set (get_or whole i 0)) (sym (slice_get_read s.sets.items (vec_len s.sets) 0 c.index.result.now s.sets.ok.0 s.some_sets c.index.ensures)))
           c.if-blank-first.true c.place_count.result
           (c.place_count.ensures count c.requires.few),
     )
@@ -33,8 +32,8 @@ take-requires g c =
       blank = blank-is c.is_zero-blank.result c.args.region.now c.is_zero-blank.ensures;
       few = c.requires.few;
       first = λ i below.
-          c.class_among-first.ensures i below
-          ∙ ap (λ set. in_set set (get_or whole i 0) && word_bit c.args.enters i) (sym (slice_get_read s.sets.items (vec_len s.sets) 0 c.index.result.now s.sets.ok.0 s.some_sets c.index.ensures));
+          c.class_word-first.ensures i below
+          ∙ ap (λ set. in_set set (get_or whole i 0)) (sym (slice_get_read s.sets.items (vec_len s.sets) 0 c.index.result.now s.sets.ok.0 s.some_sets c.index.ensures));
       room = omega arith;
     }
 
